@@ -170,6 +170,7 @@ firmware: has-firmware bindings pciguest library/libpciguest.so.0 ### boots SeaB
 	@tests/firmware/firmware.py ./pciguest
 	@tests/firmware/edits.py ./pciguest
 	@tests/firmware/broken.py ./pciguest
+	@tests/firmware/grub.py
 endif
 
 has-firmware:

@@ -50,7 +50,7 @@ typed() { grep -oE '`[^`]*`' "$testing" | tr -d '`' | grep -m1 -E "$1"; }
 if has cc && has make && /usr/bin/python3 -c 'import tomllib' 2> /dev/null; then
   holds 'the enumerator is built' tested sh -c "$(typed '^cc -Iinclude .*enumerator')"
   tested sh -c "$(typed '^bin/pciguest-firmware-test -- ./enumerator$')" > told
-  holds 'what it does on 134 boards' grep -qxF "$(grep '^134 boards' "$testing")" told
+  holds 'what it does on all boards' grep -qxF "$(grep -E '^[0-9]+ boards: ' "$testing")" told
   holds 'its mistakes are built' tested make -s -C examples/firmware
   for mistake in gap_in_functions multifunction_bit sized_while_open subordinate_low upper_half_forgotten window_a_unit_short; do
     tested bin/pciguest-firmware-test -- "examples/firmware/out/$mistake" > told

@@ -117,12 +117,23 @@ static void read_regions(const struct bus *bus, struct function *function)
     }
 }
 
+/* Returns whether a bridge has an I/O window. The upper half of the same 4 bytes is Secondary Status, so 2 bytes are accessed. */
+static bool has_ports(uint32_t bridge)
+{
+    uint16_t old = pg_read_config16(bridge, 0x1C), ones;
+
+    pg_write_config16(bridge, 0x1C, 0xFFFF);
+    ones = pg_read_config16(bridge, 0x1C);
+    pg_write_config16(bridge, 0x1C, old);
+    return (ones & 0xF0F0) != 0;
+}
+
 /* Numbers the buses behind a bridge, and finds out which windows it has. */
 static void scan_bridge(const struct bus *bus, struct function *bridge)
 {
     uint32_t prefetchable = ones_of(bridge->device, 0x24);
     unsigned bits = !prefetchable ? 0 : prefetchable & 1 ? 64 : 32;
-    bool has_io = ones_of(bridge->device, 0x1C) & 0xF0F0;
+    bool has_io = has_ports(bridge->device);
     struct bus *behind = bridge->behind = &buses[++last_number];
 
     *behind = (struct bus){ .number = last_number, .prefetchable_bits = bits };
@@ -294,7 +305,7 @@ static void enable(struct bus *bus);
 /* Enables a space if all regions in it have been placed. A window that wasn't placed is disabled first. */
 static void enable_function(struct function *function)
 {
-    uint16_t opened = function->behind ? 3 : 0, missing = 0;
+    uint16_t opened = function->behind ? 7 : 0, missing = 0;
 
     for (unsigned n = 0; n < function->count; n++) {
         struct resource *each = &function->resources[n];

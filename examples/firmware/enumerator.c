@@ -41,13 +41,13 @@ static struct item *add(struct bus *bus, enum space space, uint64_t size, uint32
 }
 
 /* Returns what a register reads back after all ones were written. Then restores its value. */
-static uint32_t probe(uint32_t function, uint32_t offset)
+static uint32_t probe(uint32_t function, uint32_t offset, int width)
 {
-    uint32_t old = pg_config_read(function, offset, 4), ones;
+    uint32_t old = pg_config_read(function, offset, width), ones;
 
-    pg_config_write(function, offset, 4, 0xFFFFFFFF);
-    ones = pg_config_read(function, offset, 4);
-    pg_config_write(function, offset, 4, old);
+    pg_config_write(function, offset, width, 0xFFFFFFFF >> (32 - 8 * width));
+    ones = pg_config_read(function, offset, width);
+    pg_config_write(function, offset, width, old);
     return ones;
 }
 
@@ -64,12 +64,12 @@ static enum space memory_space(const struct bus *bus, bool is_prefetchable, bool
 static void size_regions(struct bus *bus, uint32_t function)
 {
     for (uint32_t offset = 0x10; offset < 0x28; offset += 4) {
-        uint32_t low = probe(function, offset);
+        uint32_t low = probe(function, offset, 4);
         bool is_io = low & 1, is_wide = !is_io && (low & 6) == 4;
         uint64_t mask = low & (is_io ? ~UINT32_C(3) : ~UINT32_C(15));
 
         if (is_wide)
-            mask |= (uint64_t)probe(function, offset + 4) << 32;
+            mask |= (uint64_t)probe(function, offset + 4, 4) << 32;
         else if (mask != 0)
             mask |= UINT64_C(0xFFFFFFFF00000000);
         if (mask != 0)
@@ -81,7 +81,7 @@ static void size_regions(struct bus *bus, uint32_t function)
 /* Finds everything behind a bridge, and what each of its windows must forward. */
 static void scan_bridge(struct bus *bus, uint32_t bridge)
 {
-    uint32_t io = probe(bridge, 0x1C) & 0xF0F0, prefetchable = probe(bridge, 0x24);
+    uint32_t io = probe(bridge, 0x1C, 2) & 0xF0F0, prefetchable = probe(bridge, 0x24, 4); /* Secondary Status is at 1Eh */
     unsigned bits = prefetchable == 0 ? 0 : prefetchable & 0xF ? 64 : 32;
     struct bus *behind = &buses[++last_number];
 
@@ -217,7 +217,7 @@ static void shut_windows(struct bus *bus)
     }
 }
 
-/* Enables each function's spaces, after everything was placed. */
+/* Enables each function's spaces, after everything was placed. In bridges, it also sets Bus Master, so that they forward DMA. */
 static void open_all(struct bus *bus)
 {
     shut_windows(bus);
@@ -227,7 +227,7 @@ static void open_all(struct bus *bus)
 
         if (item->behind != NULL && item->space == MEM)
             open_all(item->behind);
-        pg_config_write(item->function, 0x04, 2, command | (item->behind ? 3 : item->space == IO ? 1 : 2));
+        pg_config_write(item->function, 0x04, 2, command | (item->behind ? 7 : item->space == IO ? 1 : 2));
     }
 }
 

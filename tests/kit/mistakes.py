@@ -3,8 +3,8 @@
 
     mistakes.py [--program PROGRAM | --second-hand] [--boards N] [NAME..]
 
-Both enumerators are run twice on each board. An edit has words of what is told of the mistake first, as a pattern, with the
-most functions of the board on which it is found, and options if it needs any; or why it is none by the profile, and then
+Both enumerators are run twice on each board, of which many are tight; so are mistakes, unless they have options. An edit has words of what is told of the mistake first, as a pattern, with the
+most functions of the board on which it is found, and options if it needs others; or why it is none by the profile, and then
 nothing may be found. The boards are those of the library, or of the program where one is named, or of the second hand, which
 needs neither. What docs/firmware-testing.md prints of a mistake has to be what is told. Status 1 says that one of these isn't
 so."""
@@ -63,8 +63,8 @@ def examine(room, options, name):
     is told of that."""
     words = ["--transients", "--boards", options.boards] + (["--program", options.program] if options.program else [])
     edit = FOLDER / f"mistakes/{name}.edit"
-    said = said_by(edit) if edit.exists() else {"options": "--warm"}
-    words += said.get("options", "").split()
+    said = said_by(edit) if edit.exists() else {"options": "--warm --tight"}
+    words += said.get("options", "--tight").split()
     status, told = tested(f"{room}/{name}", SecondHand() if options.second_hand else None, *words)
     if not edit.exists():
         return status == 0 and "warning" not in told, f"{name}: {told.strip()}"

@@ -2,16 +2,21 @@
 
 import tomllib
 import unittest
+from unittest import mock
 
 import places
 from pciguest._board_file import apertures, functions, text_of
+from pciguest._dirty import Dirty
 from pciguest._drawing import PLAIN, RandomChoices, draw_board
+from pciguest._ending import endings
 from pciguest._firmware_run import findings
+from pciguest._follow import Follower
 from pciguest._judge import KINDS, kind_of, same_problem
 from pciguest._reasons import reasons
 from pciguest._shrink import shrunk
 from pciguest._special import SPECIAL
 from pciguest._tight import TOO_SMALL, cut, halved, tight, too_small
+from pciguest._toml import as_1_0, document_of
 from pciguest._watch import Watch
 from pciguest._writers import story_of, why_unfound, writers
 from second_hand import SecondHand, SecondHandBoard
@@ -103,13 +108,65 @@ class Drawing(unittest.TestCase):
             self.assertIsNone(SecondHand().refusal(text_of(draw_board(RandomChoices(seed), 6, [small]))), seed)
 
 
+class OtherFirmware(unittest.TestCase):
+    """Boards that begin with random registers."""
+
+    def board(self, name, seed):
+        document = SPECIAL[name]()
+        return document, Dirty(SecondHand(), seed).board(text_of(document))
+
+    def test_registers_of_all_functions(self):
+        for name in ("deep", "siblings", "many_functions"):
+            document, dirty = self.board(name, 1)
+            cells = registers.of_all(dirty, document)
+            self.assertEqual({one.at for one in functions(document)}, {*dirty.left})
+            for at, left in dirty.left.items():
+                for offset, value in left.items():
+                    if offset != 0x18 or cells[at][0x0E] & 0x7F != 1:
+                        self.assertEqual(int.from_bytes(cells[at][offset:offset + 4], "little"), value, (at, offset))
+                self.assertEqual(left[4] & 0x400, 0)
+
+    def test_a_seed_says_all(self):
+        left = [self.board("siblings", seed)[1].left for seed in (1, 1, 2)]
+        self.assertEqual(left[0], left[1])
+        self.assertNotEqual(left[0], left[2])
+
+    def test_what_is_known_of_them(self):
+        document, dirty = self.board("siblings", 1)
+        watch = Watch(dirty, document)
+        for one in functions(document):
+            kept = watch.kept[one.at]
+            self.assertEqual(kept.command, dirty.left[one.at][4] & 0xFFFF)
+            self.assertEqual(len(kept.ends), 3 if one.is_bridge else 0)
+        self.assertTrue(watch.met)
+
+
+class Toml(unittest.TestCase):
+    """The program takes TOML 1.1."""
+
+    def test_what_is_new(self):
+        text = 'a = { b = [ 1, # one }\n  2, ], c = "\\x41\\e\\n", # , {\n}\nd = [ { e = \'\\x\', }, ] # }\nf = """\n}, {\\x42"""\n'
+        self.assertEqual(document_of(text), {"a": {"b": [1, 2], "c": "A\x1b\n"}, "d": [{"e": "\\x"}], "f": "}, {B"})
+
+    def test_what_is_old(self):
+        for name in ("main", "modern", "largest"):
+            text = (BOARDS / f"{name}.toml").read_text()
+            self.assertEqual(tomllib.loads(as_1_0(text)), tomllib.loads(text))
+
+    def test_what_is_wrong(self):
+        for text in ("a = { b = 1,, }", "a = { b = ", "a = {\n", "a = ]", "a = { b = 1 c = 2 }", 'a = "\\x4"', "a = { b = 1\n c = 2 }"):
+            with self.assertRaises(tomllib.TOMLDecodeError):
+                document_of(text)
+
+
 class Tight(unittest.TestCase):
     def refusal(self, document):
         return SecondHand().refusal(text_of(document))
 
     def test_a_board_for_each_mistake(self):
         for name, drawn in SPECIAL.items():
-            wanted = {"no_ports_left": 203, "no_memory_left": 204, "no_prefetchable_left": 205}.get(name)
+            wanted = {"no_ports_left": 203, "no_memory_left": 204, "no_prefetchable_left": 205, "ports_past_the_end": 203,
+                      "memory_past_the_end": 204}.get(name)
             self.assertEqual(self.refusal(drawn()), wanted, name)
 
     def test_cut(self):
@@ -232,16 +289,34 @@ class Findings(unittest.TestCase):
         document = SPECIAL["status_bits"]()
         told = "status: 1.0: a 4-byte write to Command changes Status from 0xf900 to 0x0100"
         self.assertEqual(seen("host cw 00:01.0 4 4 0xf8000000", document=document), [told])
-        self.assertEqual(seen("host cw 00:01.0 7 1 0xff", document=document),
-                         ["status: 1.0: a write to Status changes Status from 0xf900 to 0x0000"])
-        told = "status: 3.0: a {} writes ones to Status (0xf900)"
-        self.assertEqual(seen("host cw 00:03.0 4 4 0xffff0000", document=document), [told.format("4-byte write to Command")])
-        self.assertEqual(seen("host cw 00:03.0 6 2 0xffff", document=document), [told.format("write to Status")])
+        told = "status: 3.0: a 4-byte write to {} (0xf900)"
+        for offset, words in ((0x04, "Command writes ones to Status"), (0x1C, "I/O Base writes ones to Secondary Status")):
+            self.assertEqual(seen(f"host cw 00:03.0 {offset:#x} 4 0xffff0000", document=document), [told.format(words)])
+            self.assertEqual(seen(f"host cw 00:03.0 {offset:#x} 4 0x06f00000", document=document), [])
         for line in ("4 4 0x2", "4 2 0x2", "6 2 0x6ff", "7 1 0"):
             self.assertEqual(seen(f"host cw 00:01.0 {line}", document=document), [], line)
-        self.assertEqual(seen("host cw 00:01.0 6 2 0", document=SPECIAL["odd_bits"]()), [])
-        told = "status: 2.3: a write to Status changes Status from 0x8000 to 0x0000"
-        self.assertEqual(seen("host cw 00:02.3 6 2 0x8000", document=SPECIAL["odd_bits"]()), [told])
+        self.assertEqual(seen("host cw 00:01.0 4 4 0", document=SPECIAL["odd_bits"]()), [])
+        told = "status: 2.3: a 4-byte write to Command changes Status from 0x8000 to 0x0000"
+        self.assertEqual(seen("host cw 00:02.3 4 4 0x80000000", document=SPECIAL["odd_bits"]()), [told])
+
+    def test_status_that_is_cleared_on_purpose(self):
+        """A write of Status alone, or of Secondary Status, as Linux clears them."""
+        document = SPECIAL["status_bits"]()
+        for line in ("00:01.0 6 2 0xffff", "00:01.0 7 1 0xff", "00:03.0 6 2 0xffff", "00:03.0 0x1e 2 0xffff"):
+            self.assertEqual(seen(f"host cw {line}", document=document), [], line)
+
+    def test_the_board_is_asked_where_two_can_meet(self):
+        """Not after each write to an open bridge, but where an open responder now meets another."""
+        asked, told = [], SecondHandBoard.ready_text
+        near = ["host cw 00:02.0 0x20 4 0xc020c000", "host cw 00:02.0 0x20 4 0xc010c000", "host cw 00:02.0 0x30 4 0",
+                "host cw 01:00.0 4 2 0", "host cw 01:00.0 4 2 2"]
+        with mock.patch.object(SecondHandBoard, "ready_text", lambda board: asked.append(1) or told(board)):
+            self.assertEqual(seen(*near), [])
+            self.assertEqual(asked, [])
+            both = "overlap: 2.0 and 3.0: address conflict at memory 0xc0400000"
+            self.assertEqual(seen("host cw 00:02.0 0x20 4 0xc040c000"), [both])
+            self.assertEqual(seen("host cw 00:02.0 0x20 4 0xc040c000", "host cw 00:02.0 0x20 4 0xc040c010"), [])
+            self.assertEqual(len(asked), 2)
 
     def test_each_finding_has_a_kind(self):
         kinds = {kind_of(line) for line in findings(SecondHandBoard(AUDITED))}
@@ -254,6 +329,72 @@ class Findings(unittest.TestCase):
         one = "ready: 1.0 bar0 at 0x0 size 0x10: I/O decode is disabled"
         self.assertEqual(same_problem(one), same_problem(one.replace("0x0 ", "0xc0000000 ")))
         self.assertNotEqual(same_problem(one), same_problem(one.replace("bar0", "bar1")))
+
+
+class Endings(unittest.TestCase):
+    def told(self, *lines, document=AUDITED):
+        """What is found at the end, after a set-up that forwards DMA, or on another board."""
+        board = SecondHandBoard(document)
+        numbers = ["host cw 00:02.0 0x18 4 0x00010100"] if document is not AUDITED else [
+            *SET_UP, *(f"host cw {at} 4 2 7" for at in ("00:02.0", "01:02.0", "00:03.0"))]
+        for line in [*numbers, *lines]:
+            assert board.run_line(line) in ("host: ok", None)
+        before = board.ready_text()
+        found = endings(Follower(board), document)
+        self.assertEqual(before, board.ready_text())
+        self.assertLessEqual({kind_of(each) for each in found}, set(KINDS))
+        return found
+
+    def test_bridges_that_forward_no_dma(self):
+        self.assertEqual(self.told(), [])
+        told = "master: 2.0/2.0: Bus Master is clear (Command at 0x4: 0x0003), so the bridge forwards no DMA"
+        self.assertEqual(self.told("host cw 01:02.0 4 2 3"), [told])
+        empty = {"host": AUDITED["host"], "bridge": [AUDITED["bridge"][0]]}
+        self.assertEqual(self.told(document=empty), [])
+
+    def test_bits_that_are_left(self):
+        lines = {
+            "host cw 00:01.0 4 2 0x400": "1.0: Interrupt Disable is set (Command at 0x4: 0x0400)",
+            "host cw 00:01.0 0x44 1 3": "1.0: the function isn't in D0 (Power Management Control/Status at 0x44: 0x0003)",
+            "host cw 00:01.0 0x52 2 0x81": "1.0: MSI is enabled (Message Control at 0x52: 0x0081)",
+            "host cw 01:00.0 0x70 4 0xffff0000": "2.0/0.0: MSI-X is enabled (Message Control at 0x72: 0xc000)",
+        }
+        document = SPECIAL["capabilities"]()
+        master = "host cw 00:02.0 4 2 4"
+        self.assertEqual(self.told(master, document=document), [])
+        for line, told in lines.items():
+            self.assertEqual(self.told(master, line, document=document), [f"left: {told}"])
+
+    def test_bridge_control(self):
+        """Of a bridge that has it: the boards' bridges don't."""
+        def read(follower, number, offset, reads=Follower.read):
+            return 0x480000 if (number, offset) == ("00:02.0", 0x3C) else reads(follower, number, offset)
+
+        with mock.patch.object(Follower, "read", read):
+            self.assertEqual(self.told(), [f"left: 2.0: {words} is set (Bridge Control at 0x3e: 0x0048)"
+                                           for words in ("Secondary Bus Reset", "VGA Enable")])
+
+    def test_bits_that_are_set_at_reset(self):
+        document = SPECIAL["capabilities"]()
+        document["endpoint"][0]["capability"][1]["reset"] = "8100"
+        self.assertEqual(self.told("host cw 00:02.0 4 2 4", document=document), [])
+
+
+class Unseen(unittest.TestCase):
+    """What docs/firmware-testing.md says that the test can't see."""
+
+    def test_registers_that_are_not_there(self):
+        text = (places.TOP / "docs/firmware-testing.md").read_text()
+        section = text.partition("## What this test can't see\n")[2].partition("\n## ")[0]
+        for row in ("Bridge Control (3Eh)", "(30h; 38h in bridges)", "bases of bridges (10h, 14h)", "Interrupt Line (3Ch)"):
+            self.assertIn(row, section)
+        board = after("host cw 01:02.0 4 2 7", "host cw 00:02.0 4 2 7", "host cw 00:03.0 4 2 7")
+        for at, offset in (("00:02.0", 0x3C), ("00:02.0", 0x38), ("00:02.0", 0x10), ("00:02.0", 0x14), ("00:01.0", 0x30)):
+            before = board.run_line(f"host cr {at} {offset} 4")
+            board.run_line(f"host cw {at} {offset:#x} 4 0xffffff00")
+            self.assertEqual(board.run_line(f"host cr {at} {offset} 4"), before)
+        board.run_line("host cw 00:01.0 0x3c 1 0x55")
+        self.assertEqual([*findings(board), *endings(Follower(board), AUDITED)], [])
 
 
 class Reasons(unittest.TestCase):
@@ -275,6 +416,14 @@ class Reasons(unittest.TestCase):
         ])
         both = "audit: 1.0 bar1 and 2.0: address conflict at I/O 0x1000"
         self.assertEqual(reasons(board, AUDITED, both)[0], "host why io 0x1000")
+
+    def test_the_bus_of_a_conflict(self):
+        board = after("host cw 00:02.0 4 2 0", "host cw 01:00.0 0x10 4 0xc0000000")
+        told = next(line for line in findings(board) if "address conflict" in line)
+        self.assertEqual(reasons(board, AUDITED, told)[1:2] + reasons(board, AUDITED, told)[-1:], [
+            "why: memory 0xc0000000: nothing responds",
+            "the conflict is on the bus behind bridge 2.0, where no access by the host gets: "
+            "2.0/0.0 bar0 and 2.0/2.0 respond to memory 0xc0000000 there"])
 
     def test_lines(self):
         for line, asked in (("host cw 01:00.0 0x18 4 0xffffffff", "mem 0x4fff00000"),
@@ -306,8 +455,12 @@ class WhoWrote(unittest.TestCase):
                          [f"2.0 Secondary, Subordinate: last written by line 1 of 6: {lines[0]}"])
         self.assertEqual(self.told("ready: 2.0: Primary Bus Number is 00, but the bridge is on bus 01", *lines),
                          [f"2.0 Primary: last written by line 1 of 6: {lines[0]}"])
+        self.assertEqual(self.told("left: 2.0/0.0: MSI is enabled (Message Control at 0x52: 0x0081)", "host cw 00:02.0 0x18 4 0x00010100", "host cw 01:00.0 0x52 2 0x81"),
+                         ["2.0/0.0 Message Control: last written by line 2 of 2: host cw 01:00.0 0x52 2 0x81"])
         self.assertEqual(self.told("status: 2.0/0.0: a 4-byte write to Command changes Status from 0x0100 to 0x0000", *lines),
                          ["2.0/0.0 Status: never written"])
+        self.assertEqual(self.told("status: 2.0: a 4-byte write to I/O Base writes ones to Secondary Status (0xf900)", *lines, "host cw 00:02.0 0x1c 4 0xffffffff"),
+                         ["2.0 Secondary Status: last written by line 7 of 7: host cw 00:02.0 0x1c 4 0xffffffff"])
 
     def test_a_function_that_is_never_found(self):
         lines = ["host cw 00:02.0 0x18 4 0x00000100", "host cr 00:01.0 0 4", "host cr 01:00.0 0 4", "host cr 01:01.0 0 4"]

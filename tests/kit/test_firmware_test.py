@@ -16,7 +16,7 @@ from unittest import mock
 from xml.etree import ElementTree
 
 import places  # noqa: F401
-from pciguest import firmware_test
+from pciguest import _report, firmware_test
 from pciguest._child import Limits
 from pciguest._driven import Program
 from pciguest._firmware_run import Firmware
@@ -234,7 +234,7 @@ class FirmwareTest(unittest.TestCase):
         with mock.patch.multiple(firmware_test, EXAMPLES=[], SPECIAL={}):
             status, told = self.run_words("--boards", "3", "--", "true")
         self.assertEqual(status, 1)
-        self.assertRegex(told, r"FAILED on random board \d \(\d+ functions\), and on this board \(\d functions?\)")
+        self.assertRegex(told, r"FAILED on random board \d \(\d+ functions?\), and on this board \(\d functions?\)")
 
     def test_special_boards(self):
         status, told = self.run_words("--special", "no_ports_left", "--", "true")
@@ -270,12 +270,33 @@ class FirmwareTest(unittest.TestCase):
         self.assertIn("the first of these appeared at line 1 of 1: host cw 00:01.0 4 2 2\n", told)
         self.assertIn("1.0 Command: last written by line 1 of 1: host cw 00:01.0 4 2 2\nhost why mem 0x0\n", told)
 
-    def test_only_roomy_boards(self):
+    def test_tight_boards_by_option(self):
         special = {name: SPECIAL[name] for name in ("top_of_memory", "no_ports_left", "from_zero")}
         with mock.patch.multiple(firmware_test, EXAMPLES=[], SPECIAL=special):
-            status, told = self.run_words("--boards", "4", "--roomy", "--all", "--", "true")
-        self.assertEqual(status, 1)
-        self.assertIn("5 boards: the firmware fails on 5\n2 boards left out: less than twice the room that set-up needs\n", told)
+            for options, count, left_out in (([], 6, 1), (["--tight"], 7, 0)):
+                status, told = self.run_words("--boards", "4", "--all", *options, "--", "true")
+                self.assertEqual(status, 1)
+                self.assertIn(f"{count} boards: the firmware fails on {count}\n", told)
+                words = "1 board left out: less than twice the room that set-up needs (--tight takes these)\n"
+                self.assertEqual(words in told, left_out == 1)
+
+    def test_wide_apertures_tell_why_there_is_no_room(self):
+        gives_up = "os.environ['PCIGUEST_MEM'].endswith(' 0xffffffff') or sys.exit('no room');"
+        for options in ([], ["--no-room", "1"]):
+            told = self.fails(gives_up + PLACE + OPEN + ";ask('host cw 00:01.0 0x10 4 0x10000000')", "0x10000000 is outside the apertures", *options)
+            self.assertIn("on this board (1 function), with wide apertures; in those of the board it finds no room:\n", told)
+            self.assertIn("mem = [0x80000000, 0xffffffff]\n", told)
+        told = self.fails(gives_up + PLACE + OPEN, "ended with status 1", "--shrink", "0")
+        self.assertIn("on this board (2 functions), for lack of room alone: with wide apertures it is ready:\n", told)
+        told = self.fails(gives_up + PLACE + OPEN, "ended with status 1", "--all")
+        self.assertIn("(dies 1), for lack of room alone: with wide apertures it is ready: the firmware ended", told)
+
+    def test_a_hundred_problems(self):
+        told = self.fails("pass", "decode is disabled")
+        self.assertNotIn(" more problem", told)
+        with mock.patch.object(_report, "MOST_WRONG", 1):
+            told = self.fails("pass", "decode is disabled", "--shrink", "0")
+        self.assertEqual((told.count("decode is disabled\n"), told.count("\n... and 1 more problem\n")), (1, 1))
 
     def test_a_second_run(self):
         sized = "ask('host cw 00:01.0 0x10 4 0xffffffff'); ask('host cw 00:01.0 0x14 4 0xffffffff');"
@@ -285,6 +306,36 @@ class FirmwareTest(unittest.TestCase):
         self.assertIn("the second run begins at line 6\nthe first of these appeared at line 6 of 10:", told)
         self.assertIn("test --warm --board", told)
         self.assertEqual(self.run_firmware("ask('host cw 00:01.0 4 2 0');" + sized + PLACE + OPEN, "--warm")[0], 0)
+
+    def test_registers_that_other_firmware_left(self):
+        self.assertEqual(self.run_firmware("ask('host cw 00:01.0 4 2 0');" + PLACE + OPEN, "--dirty", "2")[0], 0)
+        wide = BOARD.replace('"mem32", size = 4096 }, { index = 1', '"mem64", size = 4096 }, { index = 2')
+        self.board.write_text(wide)
+        code = "ask('host cw 00:01.0 4 2 0');" + PLACE.replace("0x14", "0x18") + OPEN
+        self.assertEqual(self.run_firmware(code)[0], 0)
+        told = self.fails(code, "1.0 bar0 at 0x[0-9a-f]+c0000000 size 0x10: .* outside the apertures", "--dirty", "2")
+        self.assertIn("1.0 bar0 upper half: never written\n", told)
+        self.assertIn("test --dirty 2 --board", told)
+        told = self.fails("pass", "appeared at the beginning: none of the 0 lines changed it", "--dirty", "2")
+        self.assertEqual(self.fails("pass", "", "--dirty", "2"), told)
+        self.assertNotEqual(self.fails("pass", "", "--dirty", "3"), told.replace("--dirty 2", "--dirty 3"))
+
+    def test_the_line_in_the_firmware(self):
+        """What it printed before each line is kept with the line, and told of the one that went wrong."""
+        code = "".join(f"print('{words}', file=sys.stderr); {line.rstrip(chr(59))};" for words, line in (
+            ("looks", "ask('host cr 00:01.0 0 4')"), ("places", PLACE), ("opens", OPEN), ("moves", "ask('host cw 00:01.0 0x10 4 0xe0000000')")))
+        log = Path(self.folder.name) / "log"
+        told = self.fails(code + "print('ends', file=sys.stderr)", "outside the apertures", "--log", str(log), "--shrink", "0")
+        self.assertIn("appeared at line 5 of 5: host cw 00:01.0 0x10 4 0xe0000000\nbefore it, the firmware printed: moves\n", told)
+        self.assertIn(f"\nall its lines:     {log}\n", told)
+        self.assertEqual(log.read_text().splitlines(), [
+            f"# on {self.failed}", "# looks", "1 host cr 00:01.0 0 4 -> host: 0x00011234", "# places",
+            "2 host cw 00:01.0 0x10 4 0xc0000000 -> host: ok", "3 host cw 00:01.0 0x14 4 0x1000 -> host: ok", "# opens",
+            "4 host cw 00:01.0 4 2 3 -> host: ok", "# moves", "5 host cw 00:01.0 0x10 4 0xe0000000 -> host: ok", "# ends"])
+        self.assertEqual(self.run_firmware("ask('host ready');" + PLACE + OPEN, "--log", str(log))[0], 0)
+        self.assertEqual(log.read_text().splitlines()[:4], [
+            f"# on {self.board}", "1 host ready -> ready: 1.0 bar0 at 0x0 size 0x1000: memory decode is disabled",
+            "    ready: 1.0 bar1 at 0x0 size 0x20: I/O decode is disabled", "    ready: 2 left to do"])
 
     def test_a_warning_that_names_the_cause(self):
         code = PLACE + "ask('host cw 00:01.0 4 2 3'); ask('host cw 00:01.0 0x10 4 0xe0000000')"
@@ -363,7 +414,7 @@ class FirmwareTest(unittest.TestCase):
         self.assertEqual(tomllib.loads(self.failed.read_text())["host"]["io"], [0, 0xFFFF])
 
     def test_boards_with_devices_above_the_last_one(self):
-        options = firmware_test.parser().parse_args(["--max-device", "15", "--boards", "9", "--", "true"])
+        options = firmware_test.parser().parse_args(["--tight", "--max-device", "15", "--boards", "9", "--", "true"])
         test = firmware_test.Test(options, SecondHand())
         boards = [test.special(name) for name in ("deep", "odd_bits", "last_devices")] + [test.random(seed) for seed in range(1, 10)]
         self.assertEqual([board.name for board in boards if test.why_left_out(board)], ["the special board last_devices"])

@@ -57,7 +57,7 @@ class Child:
             raise CannotStart(f"{command[0]}: cannot be started: {error.strerror}") from None
         self.limits, self.begun = limits, time.monotonic()
         self.heard, self.longest_silence, self.count = self.begun, 0.0, 0
-        self.outgoing, self.pending, self.errors = b"", b"", b""
+        self.outgoing, self.pending, self.errors, self.printed = b"", b"", b"", b""
         assert self.process.stdin and self.process.stdout and self.process.stderr
         self.writer, self.reader = self.process.stdin.fileno(), self.process.stdout.fileno()
         self.errors_reader = self.process.stderr.fileno()
@@ -102,7 +102,7 @@ class Child:
             elif file == self.reader:
                 self.pending += read
             else:
-                self.errors = (self.errors + read)[-KEPT:]
+                self.errors, self.printed = (self.errors + read)[-KEPT:], (self.printed + read)[-KEPT:]
         return bool(ready)
 
     def take(self) -> Optional[bytes]:
@@ -149,12 +149,22 @@ class Child:
         """The exit status, or None while the process is running."""
         return self.process.poll()
 
-    def last_words(self) -> str:
-        """The end of its standard error, as far as it was written by now. The process may continue forever."""
+    def read_errors(self) -> None:
+        """Reads its standard error, as far as it was written by now. The process may continue forever."""
         for _ in range(16):
             if self.errors_reader not in self.open or not self.wait(0):
                 break
+
+    def last_words(self) -> str:
+        """The end of its standard error."""
+        self.read_errors()
         return self.errors.decode("utf-8", "replace").strip()
+
+    def newly_printed(self) -> str:
+        """What it wrote to its standard error since this was asked last, or the end of that."""
+        self.read_errors()
+        read, self.printed = self.printed, b""
+        return read.decode("utf-8", "replace")
 
     def close(self) -> None:
         """Kills the process and everything that it started in its session."""

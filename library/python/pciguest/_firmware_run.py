@@ -4,11 +4,13 @@ from __future__ import annotations
 
 import re
 from contextlib import closing
-from typing import Dict, FrozenSet, List, NamedTuple, Optional, Set, Union
+from typing import Dict, FrozenSet, List, NamedTuple, Optional, Union
 
 from ._board_file import APERTURES, Document, text_of
 from ._child import Child, Limits, Misbehaviour
-from ._driven import DrivenBoard, Maker
+from ._driven import Maker
+from ._ending import ENDINGS, endings
+from ._follow import Follower
 from ._judge import TRANSIENTS, findings, kind_of, same_problem
 from ._reasons import reasons
 from ._watch import Watch
@@ -22,7 +24,8 @@ class Run(NamedTuple):
     """The lines of firmware with their replies, and what is wrong, in order; `kind` is the kind of the first
     finding. `since` contains the line of each finding about a line, including warnings, which aren't wrong.
     If there was a second run, `first_lines` is the number of lines in the first. `gave_up` says whether the
-    firmware reported that the board has no room. If the firmware misbehaved, the end of its standard error
+    firmware reported that the board has no room. `printed` contains what it wrote to its standard error, by
+    the number of the line that came after it. If the firmware misbehaved, the end of its standard error
     is kept, and how long it was silent."""
 
     lines: List[str]
@@ -35,6 +38,12 @@ class Run(NamedTuple):
     longest_silence: float = 0
     first_lines: int = 0
     gave_up: bool = False
+    printed: Dict[int, str] = {}
+
+    @property
+    def has_status(self) -> bool:
+        """Whether firmware ended with a status but 0, which set-up's finding room made wrong."""
+        return self.kind == "dies" and "ended with status" in self.wrong[0]
 
 
 class Asked(NamedTuple):
@@ -76,7 +85,7 @@ class Firmware:
     def run(self, document: Document, has_room: bool = True) -> Run:
         """Runs the firmware to its end on a board in its reset state and, if this is requested, again on the
         board as the first run left it."""
-        run = Run([], [], [], None, {})
+        run = Run([], [], [], None, {}, printed={})
         with closing(self.maker.board(text_of(document))) as board:
             watch = Watch(board, document)
             run = self.run_once(watch, document, run, has_room)
@@ -93,15 +102,16 @@ class Firmware:
                 self.converse(child, watch, run)
             except Misbehaviour as caught:
                 wrong = caught
+            self.hear(child, run)
             gave_up = self.asked.is_said(has_room, child.status, child.last_words())
             if wrong and not (gave_up and wrong.kind == "dies"):
                 told = f"the firmware {wrong.told}{after(run.lines)}"
                 return run._replace(wrong=[told], kind=wrong.kind, last_words=child.last_words(),
                                     longest_silence=child.longest_silence)
-        left = findings(watch.board)
+        left = [*findings(watch.board), *endings(watch.follower, document)]
         if left and (gave_up or not has_room):
             said = [] if gave_up else ["room: not all regions fit, and the firmware doesn't report it"]
-            left = said + [each for each in left if kind_of(each) != "closed"]
+            left = said + [each for each in left if kind_of(each) not in ("closed", "master")]
         return self.judged(run._replace(gave_up=gave_up), left)
 
     def judged(self, run: Run, left: List[str]) -> Run:
@@ -113,10 +123,17 @@ class Firmware:
         wrong += [each for each in left if kind_of(each) not in allowed]
         return run._replace(wrong=wrong, warnings=warnings, kind=kind_of(wrong[0]) if wrong else None)
 
+    def hear(self, child: Child, run: Run) -> None:
+        """Keeps what the firmware printed before its next line."""
+        printed = child.newly_printed()
+        if printed:
+            run.printed[len(run.lines) + 1] = run.printed.get(len(run.lines) + 1, "") + printed
+
     def converse(self, child: Child, watch: Watch, run: Run) -> None:
         """Sends each line to the board and the reply to the firmware, and adds to the run what is wrong with an
         access that the board accepted."""
         for raw in child.lines():
+            self.hear(child, run)
             line = raw.decode("utf-8", "backslashreplace")
             if line.split()[:2] == ["host", "guests"]:
                 raise Misbehaviour("nonsense", f"writes a line that would hand the board over: {line[:100]!r}")
@@ -146,11 +163,19 @@ def since(maker: Maker, document: Document, lines: List[str], finding: str) -> i
     this line and all later ones. The number is 0 if it existed from the beginning."""
     wanted, place = same_problem(finding), 0
     with closing(maker.board(text_of(document))) as board:
-        was = wanted in problems(board)
+        follower = Follower(board)
+
+        def is_there() -> bool:
+            found = endings(follower, document) if kind_of(finding) in ENDINGS else findings(board)
+            return any(same_problem(each) == wanted for each in found)
+
+        was = is_there()
         for count, line in enumerate(lines, 1):
-            if board.run_line(line) != "host: ok":
+            reply = board.run_line(line)
+            follower.access(line)
+            if reply != "host: ok":
                 continue
-            now = wanted in problems(board)
+            now = is_there()
             place, was = (count if now and not was else place), now
     return place
 
@@ -161,7 +186,3 @@ def reasons_after(maker: Maker, document: Document, lines: List[str], finding: s
         for line in lines:
             board.run_line(line)
         return reasons(board, document, finding)
-
-
-def problems(board: DrivenBoard) -> Set[str]:
-    return {same_problem(each) for each in findings(board)}

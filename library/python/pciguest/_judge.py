@@ -7,6 +7,7 @@ import re
 from typing import List
 
 from ._driven import DrivenBoard
+from ._ending import ENDINGS
 
 #: each kind of finding about the resulting board, and words that only its lines contain
 LEFT = {
@@ -20,7 +21,7 @@ LEFT = {
 }
 #: kinds of findings about lines, which begin with the kind; a transient may have gone by the end
 TRANSIENTS = ["moved", "ones", "reset", "overlap", "status"]
-KINDS = [*LEFT, "sizing", "room", *TRANSIENTS]
+KINDS = [*LEFT, *ENDINGS, "sizing", "room", *TRANSIENTS]
 
 
 def kind_of(finding: str) -> str:

@@ -6,6 +6,7 @@ Ports that the chipset doesn't have belong to the board, and so do addresses bel
 from __future__ import annotations
 
 import struct
+import threading
 import time
 from typing import Any, Callable, Dict, List, Optional, Protocol, Tuple
 
@@ -19,6 +20,8 @@ FOUR_GB = 1 << 32
 # interrupt controllers and timer of later PCs: memory that does nothing
 INERT = (0xFEC00000, 0xFED00000, 0xFEE00000)
 PATIENCE = 120  # seconds of a boot
+CONFIGURATION = range(0xCF8, 0xD00)
+TEXT, ROWS, COLUMNS = 0xB8000, 25, 80  # text memory of a display
 WIDE_PAGES = 0x20  # the bit of CR4
 
 
@@ -32,6 +35,10 @@ class TooWide(BootError):
 
 class NotDone(BootError):
     """The firmware's time is over."""
+
+
+class Idle(BootError):
+    """The firmware made no access of configuration space for some time."""
 
 
 class Halted(BootError):
@@ -70,7 +77,8 @@ class PC:
         self.prompts: Dict[str, str] = {}
         self.chipset = Chipset(RAM, self.tell)
         self.interrupt: Optional[int] = None
-        self.is_done = False
+        self.is_done = self.is_idle = False
+        self.accessed = 0.0  # when configuration space was accessed last
         self.error: Optional[BoardError] = None
         self.engine = unicorn.Uc(unicorn.UC_ARCH_X86, unicorn.UC_MODE_16)
         self.map_memory(rom)
@@ -87,14 +95,20 @@ class PC:
         else."""
         engine, copy = self.engine, rom[-0x40000:]
         engine.mem_map(0, 0xA0000, unicorn.UC_PROT_ALL)
-        engine.mem_map(0xC0000, RAM - 0xC0000, unicorn.UC_PROT_ALL)
+        engine.mem_map(TEXT, RAM - TEXT, unicorn.UC_PROT_ALL)
         for start in INERT:
             engine.mem_map(start, 0x1000, unicorn.UC_PROT_ALL)
         engine.mem_map(FOUR_GB - len(rom), len(rom), unicorn.UC_PROT_READ | unicorn.UC_PROT_EXEC)
         engine.mem_write(FOUR_GB - len(rom), rom)
         engine.mem_write(0x100000 - len(copy), copy)
-        for start, end in ((0xA0000, 0xC0000), (RAM, INERT[0])):
+        for start, end in ((0xA0000, TEXT), (RAM, INERT[0])):
             engine.mmio_map(start, end - start, self.memory_read, start, self.memory_write, start)
+
+    def screen(self) -> str:
+        """What stands in the text memory, without what is empty."""
+        cells = bytes(self.engine.mem_read(TEXT, 2 * ROWS * COLUMNS))[::2].replace(b"\0", b" ").decode("cp437")
+        rows = (cells[place : place + COLUMNS].rstrip() for place in range(0, ROWS * COLUMNS, COLUMNS))
+        return "\n".join(row for row in rows if row)
 
     def tell(self, value: int) -> None:
         """Writes a byte to the console. The run ends if the console ends with one of the endings; each prompt
@@ -110,6 +124,8 @@ class PC:
     @guarded
     def port_in(self, port: int, width: int, _data: Any) -> int:
         self.chipset.now += 1
+        if port in CONFIGURATION:
+            self.accessed = time.monotonic()
         reader = self.chipset.readers.get(port)
         if reader:
             return reader()
@@ -118,6 +134,8 @@ class PC:
     @guarded
     def port_out(self, port: int, width: int, value: int, _data: Any) -> None:
         self.chipset.now += 1
+        if port in CONFIGURATION:
+            self.accessed = time.monotonic()
         writer = self.chipset.writers.get(port)
         if writer:
             writer(value & 0xFF)
@@ -184,8 +202,24 @@ class PC:
             if vector is not None:
                 self.enter_interrupt(vector)
 
-    def boot(self, *endings: str, patience: float = PATIENCE) -> None:
-        """Runs from reset until the console has printed one of the endings."""
+    def watch(self, idle: float, ended: threading.Event) -> None:
+        """Stops the run when configuration space wasn't accessed for so many seconds."""
+        while not ended.wait(idle / 10):
+            if time.monotonic() - self.accessed > idle:
+                self.is_idle = True
+                self.engine.emu_stop()
+
+    def boot(self, *endings: str, patience: float = PATIENCE, idle: Optional[float] = None) -> None:
+        """Runs from reset until the console has printed one of the endings, or until the firmware is idle."""
+        ended, self.accessed = threading.Event(), time.monotonic()
+        if idle is not None:
+            threading.Thread(target=self.watch, args=(idle, ended), daemon=True).start()
+        try:
+            self.run(*endings, patience=patience, idle=idle)
+        finally:
+            ended.set()
+
+    def run(self, *endings: str, patience: float, idle: Optional[float]) -> None:
         self.endings = endings
         engine, deadline = self.engine, time.monotonic() + patience
         engine.reg_write(x86.UC_X86_REG_CS, 0xF000)
@@ -204,6 +238,8 @@ class PC:
                 raise self.error
             if self.is_done:
                 return
+            if self.is_idle:
+                raise Idle(f"no access of configuration space for {idle:g} seconds, at {self.place()}")
             if time.monotonic() < deadline:
                 self.resume()
             start = (engine.reg_read(x86.UC_X86_REG_CS) << 4) + (engine.reg_read(x86.UC_X86_REG_EIP) & 0xFFFF)

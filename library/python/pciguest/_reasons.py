@@ -6,11 +6,12 @@ from __future__ import annotations
 import re
 from typing import List, Optional
 
-from ._board_file import Document, functions, path_of
+from ._board_file import Document, functions, path_of, path_text
 from ._driven import DrivenBoard
 from ._judge import TRANSIENTS, kind_of
 
 REGION = re.compile(r"\w+: (?P<path>\S+) bar(?P<register>\d) at (?P<base>0x[0-9a-f]+) size 0x[0-9a-f]+")
+CONFLICT = re.compile(r"\w+: (?P<both>(?P<path>[\d./]+).*): address conflict at (?P<address>.*)")
 SIZED = re.compile(r"sizing: (?P<number>\S+) bar(?P<register>\d): .* while (?P<space>\S+) decode")
 WORDS = {"I/O": "io", "memory": "mem"}
 
@@ -19,7 +20,15 @@ def reasons(board: DrivenBoard, document: Document, finding: str) -> List[str]:
     """The line that asks why, and all lines of the reply, for the board's current registers. Changes nothing on
     the board except CONFIG_ADDRESS."""
     line = question(board, document, finding)
-    return [line, *(board.run_line(line) or "").splitlines()] if line else []
+    if line is None:
+        return []
+    told = (board.run_line(line) or "").splitlines()
+    found = CONFLICT.match(finding)
+    if found is None or "nothing responds" not in told[0]:
+        return [line, *told]
+    bridge = path_text(path_of(found["path"])[:-1])
+    return [line, *told, f"the conflict is on the bus behind bridge {bridge}, where no access by the host gets: "
+                         f"{found['both']} respond to {found['address']} there"]
 
 
 def question(board: DrivenBoard, document: Document, finding: str) -> Optional[str]:

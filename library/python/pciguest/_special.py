@@ -165,10 +165,11 @@ def deep() -> Document:
 
 
 def many_buses() -> Document:
-    """The largest number of bridges, 255: the last bus is FFh."""
-    tables = [bridge(f"{first}.0", pref="none") for first in range(1, 16)]
-    tables += [bridge(f"{first}.0/{second}.0", pref="none") for first in range(1, 16) for second in range(16)]
-    ends = [endpoint(f"{at}/3.0", f"mem32 {4 * KB}") for at in ("1.0/0.0", "8.0/0.0", "8.0/15.0", "15.0/14.0")]
+    """The largest number of bridges, 255: the last bus is FFh. Two have I/O windows: 64 KB of ports are too few for one in each."""
+    at = [f"{first}.0" for first in range(1, 16)]
+    at += [f"{first}.0/{second}.0" for first in range(1, 16) for second in range(16)]
+    tables = [bridge(each, "16" if each in ("15.0", "15.0/15.0") else "none", "none") for each in at]
+    ends = [endpoint(f"{above}/3.0", f"mem32 {4 * KB}") for above in ("1.0/0.0", "8.0/0.0", "8.0/15.0", "15.0/14.0")]
     return board(*tables, *ends, endpoint("15.0/15.0/15.0", "mem32 16", "io 4"))
 
 
@@ -244,6 +245,16 @@ def status_bits() -> Document:
         endpoint("3.0/0.0", "mem32 4096", "io 16", status=0x8000), endpoint("3.0/1.0", status=0x4000))
 
 
+def capabilities() -> Document:
+    """Functions with power management, MSI and MSI-X, on bus 0 and behind a bridge."""
+    power = {"id": 0x01, "off": 0x40, "block": 8, "reset": "030000000000", "rw": "000003010000"}
+    msi = {"id": 0x05, "off": 0x50, "block": 14, "reset": "8000", "rw": "7100fcffffffffffffffffff"}
+    table = {"id": 0x11, "off": 0x70, "block": 12, "reset": "00000000000000080000", "rw": "00c0"}
+    return board(
+        endpoint("1.0", "mem32 4096", "io 16", capability=[power, msi]), bridge("2.0"),
+        endpoint("2.0/0.0", "mem32 4096", capability=[table, power]), endpoint("2.0/1.0", "mem64p 4096", capability=[msi]))
+
+
 def no_ports_left() -> Document:
     """More ports than are available, next to memory that fits."""
     ports = [endpoint(f"{place}.0", *["io 256"] * 6) for place in range(1, 4)]
@@ -262,6 +273,16 @@ def no_prefetchable_left() -> Document:
                  endpoint("2.0/1.0", "mem32 4096", "io 16"), pref=[4 * GB, 8 * GB - 1])
 
 
+def ports_past_the_end() -> Document:
+    """One unit of ports more than there are, at the end of I/O space: a 16-bit number wraps to 0 after the first region."""
+    return board(endpoint("1.0", "io 16"), bridge("2.0"), endpoint("2.0/0.0", "io 16"), io=[0xF000, 0xFFFF])
+
+
+def memory_past_the_end() -> Document:
+    """More memory than there is, at the end of 32-bit addresses: a 32-bit number wraps to 0 after the first region."""
+    return board(endpoint("1.0", f"mem32 {MB}"), endpoint("2.0", "mem32 4096"), mem=[0xFFF00000, 0xFFFFFFFF])
+
+
 #: the boards by name
 SPECIAL: Dict[str, Callable[[], Document]] = {
     drawn.__name__: drawn
@@ -270,5 +291,5 @@ SPECIAL: Dict[str, Callable[[], Document]] = {
         least_windows, greatest_windows, aligned_windows, without_windows, narrow_windows, prefetchable_below,
         not_prefetchable, deep, many_buses, many_functions, last_devices, odd_bits,
         identities, registers, siblings, empty_bridges, status_bits,
-        no_ports_left, no_memory_left, no_prefetchable_left)
+        capabilities, no_ports_left, no_memory_left, no_prefetchable_left, ports_past_the_end, memory_past_the_end)
 }

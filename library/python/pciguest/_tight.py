@@ -38,6 +38,14 @@ def halved(document: Document) -> Document:
     return document
 
 
+def widened(document: Document) -> Document:
+    """The board with wide apertures, each where it can be: prefetchable memory is where it was, below 4 GB or above."""
+    wide = {"io": [0x1000, 0xFFFF], "mem": [0x80000000, 0xFFFFFFFF], "pref": [1 << 40, (1 << 50) - 1]}
+    if not document["host"].get("pref", [1 << 32])[0] >> 32:
+        wide = {**wide, "mem": [0x40000000, 0xBFFFFFFF], "pref": [0xC0000000, 0xFFFFFFFF]}
+    return {**document, "host": {key: wide.get(key, value) for key, value in document["host"].items()}}
+
+
 def cut(document: Document, key: str, refusal: Refusal) -> Document:
     """The board with the smallest aperture with which it can be set up."""
     first, last = document["host"][key]

@@ -13,7 +13,7 @@ from ._follow import Access, Follower
 
 #: the bytes of registers, by name
 COMMAND = ("Command", range(0x04, 0x06))
-STATUS = ("Status", range(0x06, 0x08))
+STATUS = {"Status": ("Status", range(0x06, 0x08)), "Secondary": ("Secondary Status", range(0x1E, 0x20))}
 NUMBERS = [("Primary", range(0x18, 0x19)), ("Secondary", range(0x19, 0x1A)), ("Subordinate", range(0x1A, 0x1B))]
 IO_WINDOW = [("I/O Base", range(0x1C, 0x1D)), ("I/O Limit", range(0x1D, 0x1E)), ("I/O Upper 16 Bits", range(0x30, 0x34))]
 MEMORY_WINDOW = [("Memory Base", range(0x20, 0x22)), ("Memory Limit", range(0x22, 0x24))]
@@ -23,6 +23,9 @@ PREFETCHABLE_WINDOW = [
 ]
 Register = Tuple[str, range]
 NAMED = re.compile(r"(?P<path>\d+\.\d(?:/\d+\.\d)*)(?: bar(?P<register>\d))?(?=[ :,]|$)")
+
+#: the register that a finding about the end names
+ENDING = re.compile(r"^(master|left): .* \((?P<name>[\w /]+) at (?P<offset>0x\w+): ")
 
 
 class Line(NamedTuple):
@@ -82,10 +85,12 @@ def registers_of(document: Document, finding: str) -> Iterator[Tuple[str, List[R
             first = 0x10 + 4 * region.index
             upper = [(f"bar{region.index} upper half", range(first + 4, first + 8))] if region.is_64_bit else []
             yield one.at, [(f"bar{region.index}", range(first, first + 4)), *upper, COMMAND]
+        elif found := ENDING.search(finding):
+            yield one.at, [(found["name"], range(int(found["offset"], 16), int(found["offset"], 16) + 2))]
+        elif finding.startswith("status: "):
+            yield one.at, [STATUS["Secondary" if "Secondary Status" in finding else "Status"]]
         elif one.is_bridge and "configuration cycle" not in finding:
             yield one.at, NUMBERS[:1] if "Primary Bus Number is" in finding else [*windows(one, is_io), COMMAND]
-        elif "Status" in finding:
-            yield one.at, [STATUS]
     if "configuration cycle" in finding:
         parts = path_of(words.partition(":")[0])
         yield from ((path_text(parts[:length]), NUMBERS[1:]) for length in range(1, len(parts)))

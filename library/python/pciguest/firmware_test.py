@@ -11,42 +11,45 @@ from __future__ import annotations
 
 import argparse
 import os
-import re
 import shlex
 import sys
 import time
-import tomllib
 from collections import Counter
 from pathlib import Path
 from typing import Dict, Iterator, List, NamedTuple, Optional, Tuple, Union
 
-from . import _junit
+from . import _junit, _log
 from ._board_file import Document, apertures, functions, text_of
 from ._drawing import PARTED, PLAIN, WIDE, Apertures, RandomChoices, draw_board
 from ._child import CannotStart, Limits
+from ._dirty import Dirty
 from ._driven import Library, Maker, Program, ProgramFailed
 from ._files import find, told_whole
-from ._firmware_run import Asked, Firmware, Run, reasons_after, since
-from ._judge import KINDS, LEFT, kind_of
+from ._firmware_run import Asked, Firmware, Run
+from ._judge import KINDS, kind_of
+from ._report import Report, counted
 from ._shrink import shrunk
 from ._special import SPECIAL
-from ._tight import TOO_SMALL, cut, halved, tight, too_small
-from ._writers import registers_of, story_of, why_unfound, writers
+from ._tight import TOO_SMALL, cut, halved, tight, too_small, widened
+from ._toml import document_of
 
-#: most lines that tell who wrote registers
-MOST_WRITERS = 24
 #: boards of the folder `boards`, each of which can be set up
 EXAMPLES = ["main", "server", "second_bridge", "kinds", "chain", "guest_elsewhere"]
 
 
 class Named(NamedTuple):
-    """A board, its name, the arguments that select only this board, and the number with which set-up refuses
-    it."""
+    """A board, its name, the arguments that select only this board, the number with which set-up refuses it, and
+    what a failure there has to do with lack of room."""
 
     name: str
     document: Document
     again: str
     refusal: Optional[int]
+    room: str = ""
+
+    @property
+    def how(self) -> str:
+        return f", {self.room}" if self.room else ""
 
 
 class Usage(Exception):
@@ -103,17 +106,23 @@ def parser() -> argparse.ArgumentParser:
     words.add_argument("--pref", type=aperture, metavar="FIRST-LAST", help="the prefetchable memory addresses that the firmware assigns")
     words.add_argument("--allow", action="append", default=[], choices=KINDS, metavar="KIND",
                        help=f"ignore findings of this kind: {', '.join(KINDS)}")
+    words.add_argument("--bus-master", action=argparse.BooleanOptionalAction, default=True,
+                       help="report bridges without Bus Master that have endpoints behind them (on)")
     words.add_argument("--transients", action="store_true",
                        help="things that are wrong only while the firmware writes are failures instead of warnings")
     words.add_argument("--warm", action="store_true", help="run the firmware a second time, on the board as the first run left it")
+    words.add_argument("--dirty", type=natural, metavar="SEED", help="begin with random registers, as if other firmware had run before")
     words.add_argument("--no-room", type=no_room, metavar="STATUS|TEXT",
                        help="how the firmware reports that a board has no room for all regions: it exits with this status (0 "
                        "means any status except 0), or its standard error contains this text. It may then also report "
                        "this on a board on which set-up finds room")
-    words.add_argument("--roomy", action="store_true", help="only boards with at least twice the room that set-up needs")
+    words.add_argument("--tight", action="store_true",
+                       help="also boards with less than twice the room that set-up needs; many have none to spare")
     words.add_argument("--all", action="store_true", help="test all boards, and print a line for each failure, without looking for a smaller board")
     words.add_argument("--shrink", type=float, default=60, metavar="SECONDS", help="time to look for a smaller board (60)")
     words.add_argument("--save", default="failed.toml", metavar="FILE", help="file for the board on which the firmware fails (failed.toml)")
+    words.add_argument("--log", metavar="FILE", help="file for the lines on the board on which the firmware fails, or else on the "
+                       "last board, with their replies and with what the firmware printed before each on standard error")
     words.add_argument("--junit", metavar="FILE", help="file for the results in JUnit format")
     words.add_argument("--program", metavar="FILE", help="use this pciguest program instead of the library")
     words.add_argument("command", nargs="+", metavar="COMMAND")
@@ -125,12 +134,15 @@ class Test:
 
     def __init__(self, options: argparse.Namespace, maker: Optional[Maker] = None) -> None:
         self.options, self.maker = options, maker or (Program(options.program) if options.program else Library())
+        if options.dirty is not None:
+            self.maker = Dirty(self.maker, options.dirty)
         self.limits = Limits(options.time, 20 * options.time, options.lines)
         self.results: List[_junit.Result] = []
         self.warnings: Dict[str, List[Tuple[Named, Run, str]]] = {}
 
     def firmware(self, limits: Optional[Limits] = None) -> Firmware:
-        asked = Asked(frozenset(self.options.allow), self.options.transients, self.options.no_room, self.options.warm)
+        allowed = frozenset([*self.options.allow, *([] if self.options.bus_master else ["master"])])
+        asked = Asked(allowed, self.options.transients, self.options.no_room, self.options.warm)
         return Firmware(self.options.command, self.maker, limits or self.limits, asked)
 
     def refusal(self, document: Document) -> Optional[int]:
@@ -154,24 +166,23 @@ class Test:
         return Named(name, document, again, self.refusal(document))
 
     def special(self, name: str) -> Named:
-        """A special board. Its apertures are just large enough, unless --roomy is given. If memory is given,
-        there is no other memory."""
+        """A special board. With --tight, its apertures are just large enough. If memory is given, there is no
+        other memory."""
         document, given = SPECIAL[name](), self.given()
         own = {key: value for key, value in document["host"].items() if key != "pref" or "mem" not in given}
         document = {**document, "host": {**own, **given}}
         for key in apertures(document):
-            if key not in given and not self.options.roomy and self.refusal(document) is None:
+            if key not in given and self.options.tight and self.refusal(document) is None:
                 document = cut(document, key, self.refusal)
         return self.named(f"the special board {name}", document, f"--special {name}")
 
     def random(self, seed: int) -> Named:
-        """A random board. One in three has no room to spare, and one in nine too little room, unless --roomy is
-        given."""
+        """A random board. With --tight, one in three has no room to spare, and one in nine too little room."""
         given = self.given()
         spaces = [PLAIN._replace(**{key: (first, last) for key, (first, last) in given.items()})] if given else [PLAIN, WIDE, PARTED]
         choices, last_device = RandomChoices(seed), self.options.max_device
         document = draw_board(choices, self.options.bridges, spaces, guests=False, last_device=last_device)
-        if self.refusal(document) is None and not self.options.roomy and (seed % 3 == 1 or seed % 9 == 3):
+        if self.refusal(document) is None and self.options.tight and (seed % 3 == 1 or seed % 9 == 3):
             document = tight(document, list(given), choices, self.refusal)
             document = (too_small(document, choices, self.refusal) if seed % 9 == 3 else None) or document
         return self.named(f"random board {seed}", document, f"--boards 1 --seed {seed}")
@@ -183,7 +194,7 @@ class Test:
 
     def read(self, file: Path, name: str) -> Named:
         try:
-            document = tomllib.loads(file.read_text())
+            document = document_of(file.read_text())
             host = {**document["host"], **self.given()}
         except (OSError, ValueError, KeyError, TypeError) as error:
             raise Usage(f"{file}: {error}") from None
@@ -195,8 +206,8 @@ class Test:
             return None
         if max(device for one in functions(board.document) for device, _ in one.path) > self.options.max_device:
             return f"devices above {self.options.max_device}"
-        if self.options.roomy and self.refusal(halved(board.document)) is not None:
-            return "less than twice the room that set-up needs"
+        if board.refusal is None and not self.options.tight and self.refusal(halved(board.document)) is not None:
+            return "less than twice the room that set-up needs (--tight takes these)"
         return "no room in these addresses" if board.refusal in TOO_SMALL.values() and board.again.startswith("--board ") else None
 
     def usage(self, board: Named) -> Usage:
@@ -209,6 +220,18 @@ class Test:
                      f"`pciguest check {file}` says why")
 
     # ---- runs
+
+    def tried(self, board: Named) -> Tuple[Named, Run]:
+        """Runs the firmware on a board. Where it says that there is no room, and set-up finds some, wide apertures tell why:
+        the board is the wide one if the firmware fails there in another way."""
+        run = self.firmware().run(board.document, board.refusal is None)
+        wide = board._replace(document=widened(board.document), room="with wide apertures; in those of the board it finds no room")
+        if board.refusal or not (run.gave_up or run.has_status) or self.given() or self.refusal(wide.document):
+            return board, run
+        other = self.firmware().run(wide.document)
+        if other.wrong and other.kind != "dies":
+            return wide, other
+        return (board if other.wrong else board._replace(room="for lack of room alone: with wide apertures it is ready")), run
 
     def smallest(self, board: Named, run: Run) -> Document:
         """The smallest board that is found on which the firmware fails in the same way. If the firmware hangs,
@@ -236,8 +259,10 @@ class Test:
                 left_out[why] += 1
                 continue
             begun = time.monotonic()
-            run = self.firmware().run(board.document, board.refusal is None)
+            board, run = self.tried(board)
             took = time.monotonic() - begun
+            if self.options.log and not failed:
+                _log.write(self.options.log, board.name, run)
             told = "" if not run.wrong else self.in_a_line(board, run) if self.options.all else self.failure(board, run)
             self.results.append(_junit.Result(board.name, took, run.wrong[0] if run.wrong else None, told))
             for warning in run.warnings:
@@ -262,7 +287,7 @@ class Test:
         """The line for a board on which the firmware fails, if the test continues after it."""
         kinds = Counter(map(kind_of, run.wrong) if run.kind in KINDS else [run.kind])
         counts = ", ".join(f"{kind} {count}" for kind, count in kinds.items())
-        return f"FAILED on {board.name} ({counts}): {run.wrong[0]}"
+        return f"FAILED on {board.name} ({counts}){board.how}: {run.wrong[0]}"
 
     def tell_ready(self, without_room: int, gave_up: int) -> None:
         full = f"; the firmware reports no room on {without_room}" if without_room else ""
@@ -285,55 +310,19 @@ class Test:
         if last.kind != run.kind:  # it doesn't do the same each time
             small, last = board.document, run
         Path(self.options.save).write_text(text_of(small))
+        if self.options.log:
+            _log.write(self.options.log, self.options.save, last)
         count, least = (counted(len(functions(each)), "function") for each in (board.document, small))
         again = [*called(), *self.repeated()]
-        first = next((each for each in last.wrong if last.kind in KINDS and kind_of(each) != "room"), None)
-        lines = [f"FAILED on {board.name} ({count}), and on this board ({least}):", ""]
-        lines += [text_of(small).rstrip(), "", *(self.causes(small, last, first) if first else []), *last.wrong]
-        lines += [f"the second run begins at line {last.first_lines + 1}"] if last.first_lines else []
-        lines += self.told_since(small, last, first) if first else []
-        lines += self.told_room(last) if last.kind == "dies" and board.refusal is None else []
+        report = Report(self.maker, small, last)
+        lines = [f"FAILED on {board.name} ({count}), and on this board ({least}){board.how}:", "", text_of(small).rstrip(), ""]
+        lines += [*report.lines(), *(report.told_room() if last.kind == "dies" and board.refusal is None else [])]
         lines += ["", "its standard error:", last.last_words] if last.last_words else []
+        lines += ["", f"all its lines:     {self.options.log}"] if self.options.log else []
         words = shlex.join([*again, "--board", self.options.save, "--", *self.options.command])
         lines += ["", f"this board again:  {words}"]
         words = f"{shlex.join(again)} {board.again} -- {shlex.join(self.options.command)}"
         return "\n".join([*lines, f"the first one:     {words}"])
-
-    def causes(self, document: Document, run: Run, finding: str) -> List[str]:
-        """Warnings about a function that the first problem names. Each may be the cause of the problem."""
-        named = {at for at, _ in registers_of(document, finding)}
-        return [f"warning: {each} (by line {run.since[each]})" for each in run.warnings
-                if named & {at for at, _ in registers_of(document, each)}]
-
-    def told_room(self, run: Run) -> List[str]:
-        """The lines which say that a board has room, and how firmware that exits with a status can say that it
-        found none."""
-        status = re.search(r"ended with status (\d+)", run.wrong[0])
-        words = f", or --no-room {status[1]} if that status says that there is none" if status else ""
-        return [f"set-up finds room for all regions: `pciguest list` shows where{words}"]
-
-    def told_since(self, document: Document, run: Run, finding: str) -> List[str]:
-        """The report of a problem: the line at which it appeared, and why it exists at the end, or after that
-        line if it has gone; or why its function was never found. Before this, the report lists the lines
-        that wrote the registers which this problem names, or which all problems at the end name."""
-        count, text = len(run.lines), text_of(document)
-        place = run.since.get(finding) or since(self.maker, document, run.lines, finding)
-        told = f"reset: none of the {count} lines changed it"
-        if place:
-            told = f"line {place} of {count}: {run.lines[place - 1]}"
-        lines = run.lines[:place] if finding in run.since else run.lines
-        story = story_of(self.maker, text, document, lines)
-        path = finding.split()[1].rstrip(":")
-        unfound = story.unfound(path) if kind_of(finding) in LEFT else None
-        if unfound:
-            why = why_unfound(self.maker, text, run.lines, unfound, story.asked.get(unfound))
-        else:
-            why = reasons_after(self.maker, document, lines, finding)
-        left = [each for each in run.wrong if each not in run.since and kind_of(each) != "room"]
-        named = [finding] if finding in run.since else left
-        wrote = list(dict.fromkeys(line for each in named for line in writers(story, document, each, count)))
-        more = [f"... and {len(wrote) - MOST_WRITERS} more registers"] if len(wrote) > MOST_WRITERS else []
-        return [f"the first of these appeared at {told}", *wrote[:MOST_WRITERS], *more, *why]
 
     def repeated(self) -> List[str]:
         """The arguments that say what is required of the firmware."""
@@ -341,16 +330,13 @@ class Test:
         for key in ("io", "mem", "pref"):
             words += [f"--{key}", "{:#x}-{:#x}".format(*getattr(options, key))] if getattr(options, key) else []
         words += [word for kind in options.allow for word in ("--allow", kind)]
-        words += [f"--{key}" for key in ("transients", "warm", "roomy") if getattr(options, key)]
-        for key in ("no_room", "bridges", "max_device", "time", "lines", "program"):
+        words += [f"--{key}" for key in ("transients", "warm", "tight") if getattr(options, key)]
+        words += [] if options.bus_master else ["--no-bus-master"]
+        for key in ("no_room", "dirty", "bridges", "max_device", "time", "lines", "program"):
             value = getattr(options, key)
             if value != parser().get_default(key):
                 words += [f"--{key.replace('_', '-')}", f"{value:g}" if key == "time" else str(value)]
         return words
-
-
-def counted(number: int, word: str) -> str:
-    return f"{number} {word}{'s' * (number != 1)}"
 
 
 def example_files() -> List[Path]:

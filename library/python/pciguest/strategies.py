@@ -18,7 +18,6 @@ the smallest board and the fewest lines with which it fails.
 
 from __future__ import annotations
 
-import tomllib
 from typing import Callable, List, Sequence
 
 from hypothesis import strategies as st
@@ -26,6 +25,7 @@ from hypothesis import strategies as st
 from ._board_file import text_of
 from ._drawing import PARTED, PLAIN, WIDE, Apertures, Item, draw_board
 from ._line_drawing import draw_firmware, draw_script
+from ._toml import document_of
 
 __all__ = ["Apertures", "PARTED", "PLAIN", "WIDE", "boards", "firmware", "scripts"]
 
@@ -65,11 +65,11 @@ def boards(
 @st.composite
 def scripts(draw: Callable, board: str, most: int = 40) -> List[str]:  # type: ignore[type-arg]
     """At most so many lines for the guests of a board file, for `pciguest run`."""
-    return draw_script(DrawnChoices(draw), tomllib.loads(board), most)
+    return draw_script(DrawnChoices(draw), document_of(board), most)
 
 
 @st.composite
 def firmware(draw: Callable, board: str, most: int = 40) -> List[str]:  # type: ignore[type-arg]
     """Firmware lines for a board file, for `pciguest firmware`: first those that number its buses, and then at
     most so many others."""
-    return draw_firmware(DrawnChoices(draw), tomllib.loads(board), most)
+    return draw_firmware(DrawnChoices(draw), document_of(board), most)
