@@ -161,7 +161,7 @@ class Child:
         return self.errors.decode("utf-8", "replace").strip()
 
     def newly_printed(self) -> str:
-        """What it wrote to its standard error since this was asked last, or the end of that."""
+        """What it wrote to its standard error since the last call, or the end of that."""
         self.read_errors()
         read, self.printed = self.printed, b""
         return read.decode("utf-8", "replace")

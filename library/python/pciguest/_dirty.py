@@ -1,5 +1,5 @@
-"""Boards as other firmware left them: the registers that firmware writes hold random values. What these are depends on a seed
-and on the path of a function."""
+"""Boards as if other firmware had run before: the registers that firmware writes contain random values, which
+depend on a seed and on the path of the function."""
 
 from __future__ import annotations
 
@@ -11,18 +11,18 @@ from ._driven import DrivenBoard, Maker
 from ._toml import document_of
 
 COMMAND, NUMBERS = 0x04, 0x18
-#: the bits of Command that are drawn: none that a driver doesn't expect, as Interrupt Disable
+#: the bits of Command that are random: none that a driver doesn't expect, such as Interrupt Disable
 COMMAND_BITS = 0x0147
-#: registers besides, each with its width; Status isn't written, nor Secondary Status
+#: the other registers, each with its width; Status and Secondary Status aren't written
 OF_BOTH = [(0x0C, 2), (0x3C, 1)]
 OF_ENDPOINTS = [*((offset, 4) for offset in range(0x10, 0x28, 4))]
 OF_BRIDGES = [(0x1B, 1), (0x1C, 2), *((offset, 2) for offset in range(0x20, 0x28, 2)), *((offset, 4) for offset in range(0x28, 0x34, 4))]
-#: what registers of a function read, by their offsets
+#: the values of a function's registers, by offset
 Registers = Dict[int, int]
 
 
 def numbers(board: DrivenBoard, every: List[Function]) -> Dict[str, str]:
-    """Numbers the buses of a board at reset: the number of each function, by its path."""
+    """Numbers the buses of a board in its reset state. Returns the number of each function, by path."""
     buses: Dict[Path, int] = {(): 0}
     found: Dict[str, str] = {}
     bridges = [one.path for one in every if one.is_bridge]
@@ -37,18 +37,18 @@ def numbers(board: DrivenBoard, every: List[Function]) -> Dict[str, str]:
 
 
 class DirtyBoard:
-    """A board whose registers are random. `left` has what they read, by the paths of the functions."""
+    """A board with random registers. `left` contains their values, by the paths of the functions."""
 
     def __init__(self, board: DrivenBoard, document: Document, seed: int) -> None:
         self.board, self.left = board, {}  # type: DrivenBoard, Dict[str, Registers]
         every = functions(document)
         by_path = numbers(board, every)
-        # from the last on: what is found by its bridge's numbers comes before the bridge
+        # in reverse order, because functions behind a bridge can only be reached until its bus numbers are random
         for one in reversed(every):
             self.left[one.at] = self.soil(one, by_path[one.at], document["host"], RandomChoices(f"{seed} {one.at}"))
 
     def soil(self, one: Function, number: str, host: Document, choices: RandomChoices) -> Registers:
-        """Writes a function's registers, and gives what they then read. Addresses are often those of the apertures."""
+        """Writes a function's registers, and returns what they then read. Addresses are often in the apertures."""
         places: List[Tuple[int, int]] = [*OF_BOTH, *(OF_BRIDGES if one.is_bridge else OF_ENDPOINTS)]
         drawn = {}
         for offset, width in places:
@@ -81,7 +81,7 @@ class DirtyBoard:
 
 
 class Dirty:
-    """Who makes such boards, of those that another makes."""
+    """Makes such boards from those of another maker."""
 
     def __init__(self, maker: Maker, seed: int) -> None:
         self.maker, self.seed = maker, seed

@@ -1,5 +1,5 @@
-"""What firmware leaves in registers by which nothing is routed, and so `host ready` doesn't ask: bridges that forward no DMA,
-and bits that the driver of a function doesn't expect."""
+"""What firmware leaves in registers that don't route accesses, so `host ready` doesn't look at them: bridges that
+forward no DMA, and bits that the driver of a function doesn't expect."""
 
 from __future__ import annotations
 
@@ -8,13 +8,13 @@ from typing import Dict, Iterator, List, NamedTuple, Tuple
 from ._board_file import Document, Function, Path, functions
 from ._follow import Follower
 
-#: kinds of what is found here, with which the lines begin
+#: the kinds of findings here; each line begins with its kind
 ENDINGS = ["master", "left"]
 MASTER = 4
 
 
 class Bit(NamedTuple):
-    """Bits of a register of two bytes that are to be 0 at the end, and what it means where they aren't."""
+    """Bits of a 2-byte register that must be 0 at the end, and what it means if they aren't."""
 
     register: str
     offset: int
@@ -25,7 +25,7 @@ class Bit(NamedTuple):
 OF_ENDPOINTS = [Bit("Command", 0x04, 0x0400, "Interrupt Disable is set")]
 OF_BRIDGES = [
     Bit("Bridge Control", 0x3E, 0x0040, "Secondary Bus Reset is set"), Bit("Bridge Control", 0x3E, 0x0008, "VGA Enable is set")]
-#: by the Capability ID; the offset is that in the structure
+#: by Capability ID; the offset is relative to the structure
 OF_CAPABILITIES: Dict[int, Bit] = {
     0x01: Bit("Power Management Control/Status", 4, 0x0003, "the function isn't in D0"),
     0x05: Bit("Message Control", 2, 0x0001, "MSI is enabled"),
@@ -34,7 +34,7 @@ OF_CAPABILITIES: Dict[int, Bit] = {
 
 
 def bits_of(one: Function) -> Iterator[Bit]:
-    """The bits that a function has, but for those that are set at reset."""
+    """The bits that a function has, except those that are set at reset."""
     yield from OF_BRIDGES if one.is_bridge else OF_ENDPOINTS
     for table in one.table.get("capability", []):
         bit = OF_CAPABILITIES.get(table["id"])
@@ -44,7 +44,7 @@ def bits_of(one: Function) -> Iterator[Bit]:
 
 
 def reached(follower: Follower, every: List[Function]) -> Iterator[Tuple[Function, str]]:
-    """Each function that can be reached, with its number, as the bus numbers of the bridges are."""
+    """Each function that can be reached with the bus numbers of the bridges, with its own number."""
     buses: Dict[Path, int] = {(): 0}
     for one in every:
         if one.path[:-1] not in buses:
@@ -58,7 +58,7 @@ def reached(follower: Follower, every: List[Function]) -> Iterator[Tuple[Functio
 
 
 def endings(follower: Follower, document: Document) -> List[str]:
-    """All that is found in the registers as they stand; the board stays as it is."""
+    """All findings in the registers as they are now. The board isn't changed."""
     every, found = functions(document), []
     masters = {one.path[:length] for one in every if not one.is_bridge for length in range(1, len(one.path))}
     for one, number in reached(follower, every):

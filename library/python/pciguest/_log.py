@@ -1,5 +1,5 @@
-"""What firmware wrote and was answered, as a file: each line with its number and its reply, and before it what the firmware
-had printed on its standard error by then."""
+"""The lines of firmware in a file, each with its number and its reply, and before it what the firmware had printed
+on its standard error by then."""
 
 from __future__ import annotations
 

@@ -38,7 +38,7 @@ class NotDone(BootError):
 
 
 class Idle(BootError):
-    """The firmware made no access of configuration space for some time."""
+    """The firmware didn't access configuration space for some time."""
 
 
 class Halted(BootError):
@@ -105,7 +105,7 @@ class PC:
             engine.mmio_map(start, end - start, self.memory_read, start, self.memory_write, start)
 
     def screen(self) -> str:
-        """What stands in the text memory, without what is empty."""
+        """The text in the display's memory, without empty lines."""
         cells = bytes(self.engine.mem_read(TEXT, 2 * ROWS * COLUMNS))[::2].replace(b"\0", b" ").decode("cp437")
         rows = (cells[place : place + COLUMNS].rstrip() for place in range(0, ROWS * COLUMNS, COLUMNS))
         return "\n".join(row for row in rows if row)

@@ -1,7 +1,7 @@
-"""TOML 1.1, which the program takes: made of `tomllib`, which takes TOML 1.0.
+"""Reads TOML 1.1, as the program does, with `tomllib`, which reads only TOML 1.0.
 
-A table between braces may go over several lines, with comments and a comma at its end; a text between quotes may have \\e and
-\\xHH. The new form of times isn't taken: no key of a board file has one."""
+An inline table may extend over several lines, with comments and a trailing comma, and a string may contain \\e and
+\\xHH. The new form of times isn't read, because no key of a board file has a time."""
 
 from __future__ import annotations
 
@@ -17,15 +17,15 @@ ESCAPE = re.compile(r"\\(?:x([0-9A-Fa-f]{2})|(e)|.)", re.DOTALL)
 
 
 def plain_text(text: str) -> str:
-    """A text between quotes, with the escapes of TOML 1.0."""
+    """A string with the escapes of TOML 1.0."""
     return ESCAPE.sub(lambda found: f"\\u00{found[1]}" if found[1] else "\\u001b" if found[2] else found[0], text)
 
 
 def as_1_0(text: str) -> str:
-    """The same document in TOML 1.0. Lines that a table between braces takes are counted no more."""
+    """The same document in TOML 1.0. Lines inside inline tables aren't counted any more."""
     made: List[str] = []
     open_marks: List[str] = []
-    comma = None  # where one may have to go, as the last of a table between braces
+    comma = None  # one that must be removed if it is the last in an inline table
     for token in TOKENS.finditer(text):
         kind, word = str(token.lastgroup), token[0]
         is_in_table = open_marks[-1:] == ["{"]
@@ -46,7 +46,7 @@ def as_1_0(text: str) -> str:
 
 
 def document_of(text: str) -> Dict[str, Any]:
-    """What a text in TOML says: a `tomllib.TOMLDecodeError` where it isn't TOML 1.1."""
+    """The document in a text. `tomllib.TOMLDecodeError`: it isn't TOML 1.1."""
     try:
         return tomllib.loads(text)
     except tomllib.TOMLDecodeError:

@@ -70,8 +70,8 @@ class Claim(NamedTuple):
 
 
 class Kept:
-    """What the registers of a function held when they were seen last: at first those of reset, or what other firmware left
-    there. `ends` has the windows of a bridge, by their names, as they were when one was written last while it was open."""
+    """What a function's registers contained when they were last read; at first, their reset values, or what other firmware
+    left there. `ends` contains the windows of a bridge, by name, as they were when one was last written while it was enabled."""
 
     def __init__(self, function: Function, left: Dict[int, int]) -> None:
         self.function = function
@@ -157,8 +157,8 @@ class Watch:
             yield from self.overlaps(one)
 
     def wiped(self, one: Function, access: Access) -> Iterator[str]:
-        """After a write that is for another register and has Status, or Secondary Status, in its upper half. A write of Status
-        alone may be meant to clear it."""
+        """Called after a write to another register whose upper half is Status or Secondary Status. A write to Status alone
+        may be meant to clear it."""
         names = {COMMAND: ("Command", "Status"), IO_BASE: ("I/O Base", "Secondary Status")}.get(access.offset)
         ones = (access.value or 0) >> 16 & STATUS_ONES
         if names and access.width == 4 and ones:
@@ -211,7 +211,7 @@ class Watch:
             yield from self.overlaps(one)
 
     def meeting(self, kept: Kept) -> Set[FrozenSet[str]]:
-        """The pairs of a function and of one on its bus, maybe itself, that claim an address twice."""
+        """The pairs of a function and another one on its bus, or itself, that claim an address twice."""
         mine, found = kept.claims(), set()
         for other in self.on_bus[kept.function.path[:-1]] if mine else []:
             pairs = combinations(mine, 2) if other is kept else ((a, b) for a in mine for b in other.claims())

@@ -222,8 +222,8 @@ class Test:
     # ---- runs
 
     def tried(self, board: Named) -> Tuple[Named, Run]:
-        """Runs the firmware on a board. Where it says that there is no room, and set-up finds some, wide apertures tell why:
-        the board is the wide one if the firmware fails there in another way."""
+        """Runs the firmware on a board. If it reports no room where set-up finds room, it is run again with wide
+        apertures, to find out why. If it fails there in another way, the board with wide apertures is returned."""
         run = self.firmware().run(board.document, board.refusal is None)
         wide = board._replace(document=widened(board.document), room="with wide apertures; in those of the board it finds no room")
         if board.refusal or not (run.gave_up or run.has_status) or self.given() or self.refusal(wide.document):
