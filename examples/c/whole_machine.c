@@ -1,5 +1,4 @@
-/* Saves a machine with two guests, and loads it into another machine. Reads the board from standard input, and prints
- * 0x0b. */
+/* Saves a machine with two guests, and loads it into another one. Reads the board from standard input, and prints 0x0b. */
 #include "pciguest.h"
 #include <stdio.h>
 
@@ -11,8 +10,7 @@ int main(void)
     size_t length = fread(text, 1, sizeof text, stdin), size = 0;
     uint32_t value = 0;
 
-    if (pciguest_new(&machine, text, length) || pciguest_new(&other, text, length)) /* equal boards, set up in the
-                                                                                     * same way */
+    if (pciguest_new(&machine, text, length) || pciguest_new(&other, text, length)) /* equal boards */
         return 1;
     pciguest_move(&machine, 0, 0, 1, 5); /* a function moves to the second guest, whose driver writes Interrupt Line */
     pciguest_write(&machine, 1, PCIGUEST_CONFIG, 5, 0x3c, 1, 0x0b);
