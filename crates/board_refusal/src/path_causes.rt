@@ -12,20 +12,26 @@ const DECIMAL: &str = "numbers in a path are decimal, without leading zeros";
 /// What to write if a device is above 15.
 pub(crate) const DEVICES_KEY: &str = "set devices = 32 in [host] to use devices 16 to 31";
 
-/// Returns the value of a hexadecimal digit.
-fn hexadecimal_value(digit: u8) -> Option<u8> {
-    match digit {
-        b'0'..=b'9' => Some(digit - b'0'),
-        b'a'..=b'f' => Some(digit - b'a' + 10),
-        _ => None,
-    }
-}
-
-/// Returns the device of a part that is written as `lspci` writes it, with two hexadecimal digits.
-fn hexadecimal_device(part: &[u8]) -> Option<u8> {
-    match part {
-        [sixteens @ b'0'..=b'1', unit, b'.', b'0'..=b'7'] => {
-            Some(16 * (*sixteens - b'0') + hexadecimal_value(*unit)?)
+/// Returns the device and function of a part that is written as `lspci` writes it, with two
+/// hexadecimal digits for the device.
+fn hexadecimal_part(text: &[u8]) -> Option<(u8, u8)> {
+    match text {
+        [
+            sixteens @ b'0'..=b'1',
+            unit @ b'0'..=b'9',
+            b'.',
+            function @ b'0'..=b'7',
+        ] => { Some((16 * (*sixteens - b'0') + (*unit - b'0'), *function - b'0')) }
+        [
+            sixteens @ b'0'..=b'1',
+            unit @ b'a'..=b'f',
+            b'.',
+            function @ b'0'..=b'7',
+        ] => {
+            Some((
+                16 * (*sixteens - b'0') + (*unit - b'a') + 10,
+                *function - b'0',
+            ))
         }
         _ => None,
     }
@@ -42,12 +48,8 @@ pub(crate) fn push_path_help(text: &mut String, at: &[u8], limit: u8) -> Result<
     if parse_path(at).is_some() {
         return Ok(());
     }
-    if let Some(device) = hexadecimal_device(short) {
-        write!(
-            text,
-            "did you mean \"{device}{}\"? {DECIMAL}",
-            Shown(&short[2..])
-        )?;
+    if let Some((device, function)) = hexadecimal_part(short) {
+        write!(text, "did you mean \"{device}.{function}\"? {DECIMAL}")?;
         return if device < limit {
             Ok(())
         } else {
