@@ -15,7 +15,7 @@ from pciguest._judge import KINDS, kind_of, same_problem
 from pciguest._reasons import reasons
 from pciguest._shrink import shrunk
 from pciguest._special import SPECIAL
-from pciguest._tight import TOO_SMALL, cut, halved, tight, too_small
+from pciguest._tight import TOO_SMALL, cut, halved, tight, too_small, widened
 from pciguest._toml import as_1_0, document_of
 from pciguest._watch import Watch
 from pciguest._writers import story_of, why_unfound, writers
@@ -116,7 +116,7 @@ class OtherFirmware(unittest.TestCase):
         return document, Dirty(SecondHand(), seed).board(text_of(document))
 
     def test_registers_of_all_functions(self):
-        for name in ("deep", "siblings", "many_functions"):
+        for name in ("deep", "siblings", "many_functions", "last_devices", "odd_bits"):
             document, dirty = self.board(name, 1)
             cells = registers.of_all(dirty, document)
             self.assertEqual({one.at for one in functions(document)}, {*dirty.left})
@@ -184,6 +184,12 @@ class Tight(unittest.TestCase):
         self.assertEqual(halved(document)["host"], {"io": [0x1000, 0x7FFF], "mem": [0, (1 << 30) - 1]})
         self.assertIsNone(self.refusal(halved(document)))
         self.assertEqual(self.refusal(halved(cut(document, "mem", self.refusal))), TOO_SMALL["mem"])
+
+    def test_devices_are_no_aperture(self):
+        document = SPECIAL["last_devices"]()
+        for made in (halved(document), widened(document), cut(document, "mem", self.refusal)):
+            self.assertEqual(made["host"]["devices"], 32)
+            self.assertIsNone(self.refusal(made))
 
     def test_no_room_is_left(self):
         for seed in (1, 7):
