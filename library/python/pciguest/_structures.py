@@ -108,14 +108,16 @@ class Placed:
 
 
 def placed(cls: Type[Device], own: List[Register]) -> Tuple[Placed, ...]:
-    """The structures of a class, each at its place, where no other and none of its own registers of configuration space is.
-    ValueError: one has no place, or two have one name."""
+    """The structures of a class, each at a place where there is no other structure and no register of the class.
+    ValueError: one has no place, or two have the same name."""
     taken = [(each.offset, each.offset + each.width) for each in own if each.bar is None]
 
     def is_free(at: int, length: int) -> bool:
         return at + length <= LAST and all(at + length <= first or end <= at for first, end in taken)
 
-    for each in (each for each in cls.capabilities if each.at is not None):
+    for each in cls.capabilities:
+        if each.at is None:
+            continue
         if not is_free(each.at, each.length):
             raise ValueError(f"{each.name} has no place at {each.at:#x}")
         taken.append((each.at, each.at + each.length))
