@@ -28,6 +28,8 @@ WRITES = [
     rules.Rule("Command: parity error response, read-only in QEMU", rules.BOTH, range(0x04, 0x05), 0x40, free="board"),
     rules.Rule("a bridge, from 40h on: can be written in QEMU", rules.BRIDGE, range(0x40, 0x100), 0xFF, free="QEMU"),
     rules.Rule("Command: interrupt disable of a bridge, read-only here", rules.BRIDGE, range(0x05, 0x06), 0x04, free="QEMU"),
+    # (of edu, whose MSI structure is at 40h)
+    rules.Rule("Multiple Message Enable: writable in QEMU while MSI is disabled", rules.ENDPOINT, range(0x42, 0x43), 0x70, free="QEMU"),
 ]
 # Bits of Bridge Control of which other accesses would tell: ISA and VGA enable, and the reset of what is behind.
 AVOIDED = 0x1C | 0x40
